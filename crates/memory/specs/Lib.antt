@@ -1,0 +1,4 @@
+pub mod Refusals
+pub mod Image
+pub mod Drift
+pub mod Calls

@@ -1,0 +1,6 @@
+// Callers of the memories and of the rig's language: what they can prove, and examples as tests.
+pub mod lent;
+#[cfg(test)]
+mod memory_tests;
+#[cfg(test)]
+mod script_tests;
