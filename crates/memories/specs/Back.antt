@@ -13,6 +13,7 @@ use Rattle.memories.specs.declared.write_back.WriteBack.{WriteBack}
 abbrev pub backImage : WriteBack → Image
 backImage m = imageOf (now (m .working)) (now (m .lasting))
 
+-- Both tables have one length.
 pub backLevel : (m : WriteBack) → Level (backImage m)
 backLevel m = m .level
 

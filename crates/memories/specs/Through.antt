@@ -10,9 +10,11 @@ use Rattle.memory.specs.declared.calls.Call.the-variants.{Load, Store, Flush, E
 use Rattle.memories.specs.Tables.{imageOf}
 use Rattle.memories.specs.declared.write_through.WriteThrough.{WriteThrough}
 
+-- The one table is the working list and the lasting list.
 abbrev pub throughImage : WriteThrough → Image
 throughImage m = imageOf (now (m .words)) (now (m .words))
 
+-- So they have one length.
 pub throughLevel : (m : WriteThrough) → Level (throughImage m)
 throughLevel m = refl
 

@@ -1,5 +1,5 @@
 // Callers of the memories and of the rig's language: what they can prove, and examples as tests.
-pub mod lent;
+
 #[cfg(test)]
 mod memory_tests;
 #[cfg(test)]

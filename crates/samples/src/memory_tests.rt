@@ -4,8 +4,8 @@ ghost use lib.ListN.{set};
 ghost use Rattle.memories.specs.Back.{backImage};
 ghost use Rattle.memories.specs.Tables.{imageOf};
 ghost use Rattle.memories.specs.Through.{throughImage};
+ghost use Rattle.samples.specs.Lent.{RestKept};
 ghost use Rattle.std.specs.Vec.{made};
-use crate::lent::perform_all;
 use memories::tables::Tables;
 use memories::write_back::WriteBack;
 use memories::write_back::calls::WriteBackMemory;
@@ -36,6 +36,19 @@ fn save_through(memory: &mut WriteThrough, p: usize, v: u32) -> Result<(), Memor
     perform(memory, Call::Store(p, v))?;
     perform(memory, Call::Flush(p))?;
     Ok(())
+}
+
+// A caller that lends its own tables for a while.
+// Makes these calls, and passes over those that are refused. Past the shorter length no word of either table changes.
+fn perform_all(working: &mut [u32], lasting: &mut [u32], calls: &[Call])
+    ensures working { λ _. ⌜ RestKept (now (working .entry)) (now (lasting .entry)) (now (working .exit)) ⌝ }
+    ensures lasting { λ _. ⌜ RestKept (now (lasting .entry)) (now (working .entry)) (now (lasting .exit)) ⌝ }
+{
+    let size = working.len().min(lasting.len());
+    let mut memory = WriteBack::new(&mut working[0..size], &mut lasting[0..size]);
+    for call in calls {
+        let _ = perform(&mut memory, *call);
+    }
 }
 
 #[test]

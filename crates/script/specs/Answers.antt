@@ -18,6 +18,7 @@ use Rattle.script.specs.declared.answers.Answer.the-variants as answer
 use Rattle.script.specs.declared.commands.Command.{Command}
 use Rattle.script.specs.declared.commands.Command.the-variants as command
 
+-- The answer of a call: nothing, a word, or a refusal.
 abbrev pub callAnswer : Result (Option ℕ) MemoryFault → Answer
 callAnswer (Ok None) = answer.Done
 callAnswer (Ok (Some word)) = answer.Value word

@@ -12,6 +12,7 @@ use Rattle.script.specs.declared.commands.Kind.the-variants.{Back, Through}
 abbrev pub Word : Type 0
 Word = List ℕ
 
+-- The word for a kind of memory.
 abbrev pub kindName : Kind → Word
 kindName Back = codes "back"
 kindName Through = codes "through"

@@ -38,10 +38,11 @@ wordsIn verb.Cut = 1
 wordsIn verb.Size = 1
 wordsIn verb.Words = 1
 
+-- A line has exactly that many words.
 abbrev pub counted : Verb → ℕ → Result (Unit {0}) Flaw
 counted v count = cond (ltb count (wordsIn v)) (Err TooFewWords) (cond (ltb (wordsIn v) count) (Err TooManyWords) (Ok tt))
 
--- The number below a limit that the token with this index writes.
+-- The number below a limit that a token writes, where the token has this index in its line.
 abbrev pub numberIn : ℕ → ℕ → Token → Result ℕ Flaw
 numberIn limit index token.Comment = Err (NotANumber index)
 numberIn limit index (token.Verb v) = Err (NotANumber index)
@@ -49,9 +50,11 @@ numberIn limit index (token.Kind k) = Err (NotANumber index)
 numberIn limit index (token.Number n) = cond (ltb n limit) (Ok n) (Err (NotANumber index))
 numberIn limit index token.Other = Err (NotANumber index)
 
+-- The same of the token that stands at the index.
 abbrev pub numberAt : ℕ → List Token → ℕ → Result ℕ Flaw
 numberAt limit ts index = numberIn limit index (getD ts index token.Other)
 
+-- The kind of memory that a token names.
 abbrev pub kindIn : Token → Result Kind Flaw
 kindIn token.Comment = Err NoSuchMemory
 kindIn (token.Verb v) = Err NoSuchMemory
@@ -59,10 +62,11 @@ kindIn (token.Kind k) = Ok k
 kindIn (token.Number n) = Err NoSuchMemory
 kindIn token.Other = Err NoSuchMemory
 
+-- The same of the token that stands at the index.
 abbrev pub kindAt : List Token → ℕ → Result Kind Flaw
 kindAt ts index = kindIn (getD ts index token.Other)
 
--- Places fit 64 bits, words 32.
+-- The command of a line that has the verb's number of words. Places fit 64 bits, words 32.
 abbrev pub formed : Verb → List Token → Result Command Flaw
 formed verb.Memory ts = then (kindAt ts 1) (λ kind. then (numberAt (2 ^ 64) ts 2) (λ places. Ok (command.Memory kind places)))
 formed verb.Load ts = then (numberAt (2 ^ 64) ts 1) (λ p. Ok (command.Call (call.Load p)))
@@ -81,6 +85,7 @@ needed ready (command.Call c) = cond ready (Ok (Some (command.Call c))) (Err NoM
 needed ready command.Size = cond ready (Ok (Some command.Size)) (Err NoMemory)
 needed ready command.Words = cond ready (Ok (Some command.Words)) (Err NoMemory)
 
+-- What a line says by its first word.
 abbrev pub said : Bool → Token → List Token → Result (Option Command) Flaw
 said ready token.Comment ts = Ok None
 said ready (token.Verb v) ts = then (counted v (length ts)) (λ _. then (formed v ts) (needed ready))

@@ -1,24 +1,24 @@
 -- Whole scripts: what all lines say, or the first that is refused.
 use mathlib.Core.Bool.{Bool, true, false}
-use mathlib.Core.List.{List, [], _∷_, _++_}
+use mathlib.Core.List.{List, [], _∷_}
+use mathlib.Core.Path.{_≡_}
 use Prim.Native.Nat.{ℕ, _+_, _<_}
 use lib.ListN.{length}
+use Rattle.std.specs.Lines.{Line as FirstLine}
 use Rattle.std.specs.Of.Vec.{vec-items}
-use Rattle.std.specs.declared.vec.Vec.{Vec}
 use Rattle.std.specs.declared.alloc.Global.{Global}
-use Rattle.script.specs.declared.read.Unread.{Unread}
-use Rattle.script.specs.declared.read.Unread.the-variants as unread
-use mathlib.Core.Path.{_≡_}
 use Rattle.std.specs.declared.option.Option.{Option}
 use Rattle.std.specs.declared.option.Option.the-variants.{Some, None}
 use Rattle.std.specs.declared.result.Result.{Result}
 use Rattle.std.specs.declared.result.Result.the-variants.{Ok, Err}
+use Rattle.std.specs.declared.vec.Vec.{Vec}
+use Rattle.script.specs.Lines.{CutFrom}
+use Rattle.script.specs.Reading.{understood}
 use Rattle.script.specs.declared.commands.Command.{Command}
 use Rattle.script.specs.declared.flaws.Flaw.{Flaw}
 use Rattle.script.specs.declared.lines.Line.{Line}
-use Rattle.script.specs.Reading.{understood}
-use Rattle.script.specs.Lines.{CutFrom}
-use Rattle.std.specs.Lines.{Line as FirstLine}
+use Rattle.script.specs.declared.read.Unread.{Unread}
+use Rattle.script.specs.declared.read.Unread.the-variants as unread
 
 -- What the lines say, one after the other, or the index of the first that is refused, and why.
 abbrev pub Outcome : Type 0
@@ -34,15 +34,17 @@ abbrev pub before : Option Command → Outcome → Outcome
 before c (Ok cs) = Ok (c ∷ cs)
 before c (Err x) = Err (x .0 + 1, x .1)
 
+-- The first line's answer, and then the others'; after a refused line nothing is looked at.
 abbrev pub firstThen : Result (Option Command) Flaw → (Option Command → Outcome) → Outcome
 firstThen (Ok c) rest = before c (rest c)
 firstThen (Err flaw) rest = Err (0, flaw)
 
+-- What some lines say, where `ready` tells whether a memory was made before them.
 abbrev pub scriptFrom : Bool → List Line → Outcome
 scriptFrom ready [] = Ok []
 scriptFrom ready (line ∷ rest) = firstThen (understood ready (vec-items (line .tokens))) (λ c. scriptFrom (madeBy ready c) rest)
 
--- No memory is made before the first line.
+-- What a whole script says: no memory is made before its first line.
 abbrev pub scriptOf : List Line → Outcome
 scriptOf lines = scriptFrom false lines
 
@@ -52,7 +54,7 @@ Told lines (Ok commands) = scriptOf lines ≡ Ok (vec-items commands)
 Told lines (Err (unread.Line index flaw)) = scriptOf lines ≡ Err (index, flaw)
 Told lines (Err unread.NoRoom) = Unit {0}
 
--- The lines of a text, the first at its beginning.
+-- The lines of a text: the first at its beginning, as the library cuts it, and those of the rest.
 abbrev pub LinesIn : List ℕ → List (List ℕ) → Type 0
 LinesIn text [] = length text ≡ 0
 LinesIn text (line ∷ lines) = (rest : List ℕ) × (0 < length text) × FirstLine text line rest × LinesIn rest lines

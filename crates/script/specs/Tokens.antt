@@ -17,6 +17,7 @@ use Rattle.script.specs.declared.commands.Verb.the-variants.{Memory, Load, Sto
 use Rattle.script.specs.declared.tokens.Token.{Token}
 use Rattle.script.specs.declared.tokens.Token.the-variants as token
 
+-- The verb that a word is.
 abbrev pub verbOf : Word → Option Verb
 verbOf word =
     cond (sameBytes word (codes "memory")) (Some Memory)
@@ -28,6 +29,7 @@ verbOf word =
     (cond (sameBytes word (codes "size")) (Some Size)
     (cond (sameBytes word (codes "words")) (Some Words) None)))))))
 
+-- The kind of memory that a word is.
 abbrev pub kindOf : Word → Option Kind
 kindOf word =
     cond (sameBytes word (codes "back")) (Some Back)
@@ -39,14 +41,17 @@ numberOf word =
     cond (ltb 0 (length (afterPlus word)) && (allDigits (afterPlus word) && ltb (value 10 (afterPlus word)) (2 ^ 64)))
     (Some (value 10 (afterPlus word))) None
 
+-- A word that is no verb and no kind is a number, or something else.
 abbrev pub numberToken : Option ℕ → Token
 numberToken None = token.Other
 numberToken (Some n) = token.Number n
 
+-- A word that is no verb is a kind, or what `numberToken` says.
 abbrev pub kindToken : Option Kind → Word → Token
 kindToken None word = numberToken (numberOf word)
 kindToken (Some kind) word = token.Kind kind
 
+-- A word is a verb, or what `kindToken` says.
 abbrev pub verbToken : Option Verb → Word → Token
 verbToken None word = kindToken (kindOf word) word
 verbToken (Some verb) word = token.Verb verb
