@@ -1,5 +1,4 @@
 -- The write-back memory: which table is which list, and what each call does exactly.
-use mathlib.Core.List.{List}
 use Prim.Native.Nat.{ℕ}
 use lib.ListN.{set}
 use denote.Ref.{now}

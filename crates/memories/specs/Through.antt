@@ -1,7 +1,5 @@
 -- The write-through memory: one table is both lists.
 use mathlib.Core.Path.{refl}
-use mathlib.Core.List.{List}
-use Prim.Native.Nat.{ℕ}
 use lib.ListN.{set}
 use denote.Ref.{now}
 use Rattle.memory.specs.Image.{Image, Level}

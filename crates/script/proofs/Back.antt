@@ -1,19 +1,18 @@
 -- A command written out as words and read again is that command.
 use mathlib.Core.Path.{_≡_, refl, sym, ap, subst, _∙_}
-use mathlib.Core.Bool.{Bool, true, false, cond, _&&_}
+use mathlib.Core.Bool.{true, false}
 use mathlib.Core.List.{List, [], _∷_}
-use Prim.Native.Nat.{ℕ, _^_, _<_, _≤_}
+use Prim.Native.Nat.{ℕ, _^_, _<_}
 use native.Mathlib.Omega.{arith}
-use lib.Dec.{eqb, ltb}
-use lib.ListN.{length, getD}
+use lib.Dec.{eqb}
+use lib.ListN.{length}
 use Rattle.std.specs.Reads.{value}
 use Rattle.std.specs.Text.{In}
 use Rattle.std.specs.Written.{decimal}
 use Rattle.std.specs.shelf.Text.{allDigits}
-use Rattle.std.specs.declared.option.Option.the-variants.{Some, None}
 use Rattle.std.proofs.shelf.Decimals.{decimal-some, digits-decimal, value-decimal}
 use Rattle.std.proofs.shelf.Numerals.{tells-allDigits}
-use Rattle.std.proofs.shelf.Tests.{ne-eqb, lt-ltb, and-from, cond-true}
+use Rattle.std.proofs.shelf.Tests.{ne-eqb, lt-ltb}
 use Rattle.memory.specs.declared.calls.Call.the-variants as call
 use Rattle.script.specs.Tokens.{tokenOf}
 use Rattle.script.specs.Reading.{ReadsBack}

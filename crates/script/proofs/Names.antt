@@ -1,6 +1,6 @@
 -- A word beside the names of a table, one after the other.
 use mathlib.Core.Path.{_≡_}
-use mathlib.Core.Bool.{true, false, cond}
+use mathlib.Core.Bool.{cond}
 use mathlib.Core.List.{List}
 use Prim.Native.Nat.{ℕ}
 use Rattle.std.specs.shelf.Text.{sameBytes}

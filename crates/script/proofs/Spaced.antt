@@ -1,5 +1,5 @@
 -- Words one space apart, one word after the other.
-use mathlib.Core.Path.{_≡_, refl, sym, ap, _∙_}
+use mathlib.Core.Path.{_≡_, sym, ap, _∙_}
 use mathlib.Core.Bool.{Bool, false, cond}
 use mathlib.Core.List.{List, [], _∷_, _++_, map, append-assoc, append-nil}
 use Prim.Native.Nat.{ℕ}
@@ -10,8 +10,7 @@ use lib.ListN.{length}
 use denote.Ref.{RefT, now}
 use Rattle.std.proofs.shelf.Lists.{length-map, map-append}
 use Rattle.std.proofs.shelf.Tests.{ne-eqb}
-use Rattle.std.specs.Of.String.{string-bytes}
-use Rattle.std.specs.Of.Vec.{vec-items, vec-len}
+use Rattle.std.specs.Of.Vec.{vec-len}
 use Rattle.script.specs.Language.{Word, afterWord, lineText}
 use Rattle.script.specs.Lines.{WithWord, WordsAre}
 use Rattle.script.specs.Tokens.{tokenOf}

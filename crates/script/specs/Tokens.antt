@@ -1,6 +1,5 @@
 -- What one word can stand for.
 use mathlib.Core.Bool.{Bool, cond, _&&_}
-use mathlib.Core.List.{List, [], _∷_}
 use Prim.Native.Nat.{ℕ, _^_}
 use lib.Chars.{codes}
 use lib.Dec.{eqb, ltb}

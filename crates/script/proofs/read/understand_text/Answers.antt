@@ -1,5 +1,5 @@
 use borrow.Author.Needs.{needs}
-use mathlib.Core.Path.{_≡_, ap, subst, sym, _∙_}
+use mathlib.Core.Path.{ap, subst, sym, _∙_}
 use mathlib.Core.List.{List}
 use Rattle.std.specs.declared.result.Result.the-variants.{Err}
 use Rattle.std.proofs.shelf.Results.{err-from-errBy}
