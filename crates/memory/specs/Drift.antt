@@ -7,7 +7,7 @@ use lib.ListN.{length}
 use Rattle.memory.specs.Image.{wordAt}
 
 -- One lasting word, before and after: it stays, or takes the working word of its place.
--- Proofs use this relation through the lemmas of proofs/Drift.antt, and do not look inside.
+-- proofs/Drift.antt has lemmas on it for the layers above. Where the checker's search proves a memory, it looks inside.
 abbrev pub Settles : ℕ → ℕ → ℕ → Type 0
 Settles working before after = (after ≡ before) ⊎ (after ≡ working)
 
