@@ -2,8 +2,7 @@
 .PHONY: run test
 
 run:
-	rt check rig
-	target/bin/rig < examples/power-cut.rig
+	cd crates/rig && rt run < ../../examples/power-cut.rig
 
 test:
 	.ci/run

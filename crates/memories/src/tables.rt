@@ -9,7 +9,7 @@ use memory::refusals::MemoryFault;
 // A look at the words, the working ones first. It changes nothing.
 pub trait Tables: Memory {
     fn tables(&self) -> (&[u32], &[u32])
-        ensures { image_of result.0.now result.1.now ≡ Self.Memory.image self.now };
+        ensures { image_of result.0.now result.1.now ≡ Self.image self.now };
 }
 
 // Refuses a place at or past the size.

@@ -50,9 +50,9 @@ pub trait Memory {
 
 // Makes one call: a load answers its word, the others nothing.
 pub fn perform<M: Memory>(memory: &mut M, call: Call) -> Result<Option<u32>, MemoryFault>
-    ensures answer { result ≡ answer_of call (image memory.old) }
-    ensures words { Leaves exact call (image memory.old) result (image memory.new) }
-    ensures size { size_of (image memory.new) ≡ size_of (image memory.old) }
+    ensures answer { result ≡ answer_of call (M.image memory.old) }
+    ensures words { Leaves M.exact call (M.image memory.old) result (M.image memory.new) }
+    ensures size { size_of (M.image memory.new) ≡ size_of (M.image memory.old) }
 {
     match call {
         Call::Load(p) => Ok(Some(memory.load(p)?)),

@@ -1,5 +1,7 @@
 // The rig: carries out the script on standard input, and prints what each line answers.
 // A script with a line that is no command is not carried out at all.
+#![tactic(auto)]
+
 use memories::tables::Tables;
 use memories::write_back::WriteBack;
 use memories::write_through::WriteThrough;
@@ -8,6 +10,7 @@ use script::commands::{Command, Kind};
 use script::lines::Line;
 use script::read::read_script;
 use std::io;
+use std::process::ExitCode;
 
 // One list of words, with its name before it.
 fn print_words(rt: &HostRuntime, name: &str, words: &[u32]) -> io::Result<()> {
@@ -91,10 +94,11 @@ fn rig(rt: &HostRuntime) -> anyhow::Result<()> {
     Ok(())
 }
 
-fn main(rt: HostRuntime) -> anyhow::Result<()> {
-    let result = rig(&rt);
-    if let Err(error) = &result {
-        eprintln!(rt; "rig: {error}")?;
-    }
-    result
+// A complaint goes to standard error, on one line, and ends the program with status 1.
+fn main(rt: HostRuntime) -> ExitCode {
+    let Err(error) = rig(&rt) else {
+        return ExitCode::SUCCESS;
+    };
+    let _ = eprintln!(rt; "rig: {error}");
+    ExitCode::FAILURE
 }

@@ -30,8 +30,8 @@ impl fmt::Display for Answer {
 
 // Asks a memory what a command says. A memory line and `words` leave it as it is.
 pub fn ask<M: Memory>(memory: &mut M, command: Command) -> Answer
-    ensures answer { result ≡ answered command (image memory.old) }
-    ensures words { Asked exact command (image memory.old) (image memory.new) }
+    ensures answer { result ≡ answered command (M.image memory.old) }
+    ensures words { Asked M.exact command (M.image memory.old) (M.image memory.new) }
 {
     match command {
         Command::Memory(_, _) | Command::Words => Answer::Done,

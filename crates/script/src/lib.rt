@@ -1,4 +1,6 @@
 // The rig's language: a line's words are read as a command, and a command's answer is shown.
+#![tactic(auto)]
+
 pub mod answers;
 pub mod commands;
 pub mod flaws;

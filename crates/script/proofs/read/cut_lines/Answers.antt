@@ -9,15 +9,15 @@ pub loop-line-preserved : goal.loop-line-preserved
 loop-line-preserved c = (
   tt,
   tt,
-  subst (λ (lines : List Line). CutAs (map (λ x. x.now) (c.loop-line.yielded ++ (c.in-Some.line ∷ []))) lines) (sym c.in-ok-push.ensures.items)
-      (pieces_cut c.loop-line.yielded c.in-Some.line _ _ c.loop-line.invariant.2 c.in-ok-cut.ensures),
+  subst (λ (lines : List Line). CutAs (map (λ x. x.now) (c.loop-line.yielded ++ (c.in-Some.line ∷ []))) lines) (sym c.in_ok-push.ensures.items)
+      (pieces_cut c.loop-line.yielded c.in-Some.line _ _ c.loop-line.invariant.2 c.in_ok-cut.ensures),
 )
 
 pub returns : goal.returns
 returns c =
     let texts = map (λ x. x.now) c.loop-line.yielded in
-    let from = ap lines_rest c.into-iter-line-iterator.ensures.into-iter-gives ∙ c.lines-line-items.ensures.rest in (
+    let from = ap lines_rest c.into_iter-line-iterator.ensures.into_iter_gives ∙ c.lines-line-items.ensures.rest in (
       texts,
-      subst (λ (text : List ℕ). LinesIn text texts) from (lines_in_text c.loop-line.yielded _ _ c.loop-line.yielded-by c.in-None.ensures.steps.0.0),
+      subst (λ (text : List ℕ). LinesIn text texts) from (lines_in_text c.loop-line.yielded _ _ c.loop-line.yielded_by c.in-None.ensures.steps.0.0),
       c.loop-line.invariant.2,
     )

@@ -20,9 +20,9 @@ loop-index-preserved c =
     let item = c.index-lines-index.result in
     let ready = c.loop-index.ready in
     let says = line_says lines i item ready _ _ _ c.index-lines-index.is c.deref.ensures.value c.understand.ensures c.in-Ok.is in
-    let pushed = c.in-ok-push.ensures in (
-      until_more lines i item ready c.is-ready-ready.result (vec_items c.loop-index.commands) (vec_items c.push.new.self) c.in-Ok.command
-          c.loop-index-test.true c.loop-index.invariant.0 says c.is-ready-ready.ensures pushed.items,
+    let pushed = c.in_ok-push-in-Ok.ensures in (
+      until_more lines i item ready c.is_ready-ready.result (vec_items c.loop-index.commands) (vec_items c.push.new.self) c.in-Ok.command
+          c.loop-index-test.true c.loop-index.invariant.0 says c.is_ready-ready.ensures pushed.items,
       omega (arith, pushed.len),
     )
 

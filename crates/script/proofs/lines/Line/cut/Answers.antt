@@ -9,14 +9,14 @@ pub loop-word-preserved : goal.loop-word-preserved
 loop-word-preserved c = (
   tt,
   tt,
-  pieces_more c.loop-word.yielded c.in-Some.word c.loop-word.line c.add-word.new.self c.loop-word.invariant.2 c.in-ok-add-word.ensures,
+  pieces_more c.loop-word.yielded c.in-Some.word c.loop-word.line c.add_word.new.self c.loop-word.invariant.2 c.in_ok-add_word.ensures,
 )
 
 pub returns : goal.returns
 returns c =
     let words = map (λ x. x.now) c.loop-word.yielded in
-    let from = ap split_whitespace_rest c.into-iter-word-iterator.ensures.into-iter-gives ∙ c.split-whitespace-word-items.ensures.rest in (
+    let from = ap split_whitespace_rest c.into_iter-word-iterator.ensures.into_iter_gives ∙ c.split_whitespace-word-items.ensures.rest in (
       words,
-      subst (λ (text : List ℕ). WordsIn text words) from (words_in_text c.loop-word.yielded _ _ c.loop-word.yielded-by c.in-None.ensures.steps.1),
+      subst (λ (text : List ℕ). WordsIn text words) from (words_in_text c.loop-word.yielded _ _ c.loop-word.yielded_by c.in-None.ensures.steps.1),
       c.loop-word.invariant.2,
     )
