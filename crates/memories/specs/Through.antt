@@ -1,5 +1,5 @@
 -- The write-through memory: one table is both lists.
-use Rattle.std.specs.Prelude.{slice_set, refl}
+use Rattle.std.specs.Prelude.{ℕ, List, [], ◌∷◌, slice_set, refl}
 use Rattle.memory.specs.Image.{Image, Level}
 use Rattle.memory.specs.declared.calls.Call.{Call}
 use Rattle.memory.specs.declared.calls.Call.TheVariants.{Load, Store, Flush, Evict, Cut}
@@ -13,6 +13,10 @@ through_image m = image_of m.words.now m.words.now
 -- So they have one length.
 pub through_level : (m : WriteThrough) → Level (through_image m)
 through_level m = refl
+
+-- The table that it holds, by the name of its reference.
+abbrev pub through_held : WriteThrough → List ℕ
+through_held m = m.words.ghost_name ∷ []
 
 -- A store makes word p last at once; no other call changes a word.
 abbrev pub through_does : Call → Image → Image

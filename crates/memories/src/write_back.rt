@@ -2,6 +2,7 @@
 ghost use Rattle.std.specs.Prelude.{◌≡◌, length};
 
 pub mod calls;
+pub mod lent;
 
 #[derive(Drop)]
 pub struct WriteBack<'a> {

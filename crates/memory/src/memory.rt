@@ -1,5 +1,5 @@
 // The interface of a memory.
-ghost use Rattle.std.specs.Prelude.{◌≡◌};
+ghost use Rattle.std.specs.Prelude.{◌≡◌, ℕ, List, []};
 ghost use Rattle.memory.specs.Image.{Image, Level, size_of, word_at};
 ghost use Rattle.memory.specs.Refusals.{within};
 ghost use Rattle.memory.specs.Calls.{Done, Leaves, answer_of};
@@ -19,6 +19,10 @@ pub trait Memory {
     // What a granted call of this memory does to the words, where it is less free than the rules.
     ghost exact: { AnyCall → Image → Image → Type 0 };
 
+    // The tables that are lent to it, by the names of the references to them. No call exchanges one for another,
+    // so a caller knows its tables again when the loan ends.
+    ghost held: { Self → List ℕ } = { λ _. [] };
+
     // The number of places, which never changes.
     fn size(&self) -> usize
         ensures { result ≡ size_of (image self.now) };
@@ -26,26 +30,31 @@ pub trait Memory {
     // Working word p.
     fn load(&mut self, p: usize) -> Result<u32, MemoryFault>
         ensures answer { result ≡ within (size_of (image self.old)) p (word_at (image self.old).working p) }
-        ensures words { Leaves exact (Load p) (image self.old) result (image self.new) };
+        ensures words { Leaves exact (Load p) (image self.old) result (image self.new) }
+        ensures held { held self.new ≡ held self.old };
 
     // Makes working word p equal v.
     fn store(&mut self, p: usize, v: u32) -> Result<(), MemoryFault>
         ensures answer { result ≡ within (size_of (image self.old)) p tt }
-        ensures words { Leaves exact (Store p v) (image self.old) result (image self.new) };
+        ensures words { Leaves exact (Store p v) (image self.old) result (image self.new) }
+        ensures held { held self.new ≡ held self.old };
 
     // Makes lasting word p equal working word p.
     fn flush(&mut self, p: usize) -> Result<(), MemoryFault>
         ensures answer { result ≡ within (size_of (image self.old)) p tt }
-        ensures words { Leaves exact (Flush p) (image self.old) result (image self.new) };
+        ensures words { Leaves exact (Flush p) (image self.old) result (image self.new) }
+        ensures held { held self.new ≡ held self.old };
 
     // Lets lasting words drift.
     fn evict(&mut self, p: usize) -> Result<(), MemoryFault>
         ensures answer { result ≡ within (size_of (image self.old)) p tt }
-        ensures words { Leaves exact (Evict p) (image self.old) result (image self.new) };
+        ensures words { Leaves exact (Evict p) (image self.old) result (image self.new) }
+        ensures held { held self.new ≡ held self.old };
 
     // The power fails and comes back: the working words are what lasted.
     fn cut(&mut self)
-        ensures { Done exact Cut (image self.old) (image self.new) };
+        ensures words { Done exact Cut (image self.old) (image self.new) }
+        ensures held { held self.new ≡ held self.old };
 }
 
 // Makes one call: a load answers its word, the others nothing.
@@ -53,6 +62,7 @@ pub fn perform<M: Memory>(memory: &mut M, call: Call) -> Result<Option<u32>, Mem
     ensures answer { result ≡ answer_of call (M.image memory.old) }
     ensures words { Leaves M.exact call (M.image memory.old) result (M.image memory.new) }
     ensures size { size_of (M.image memory.new) ≡ size_of (M.image memory.old) }
+    ensures held { M.held memory.new ≡ M.held memory.old }
 {
     match call {
         Call::Load(p) => Ok(Some(memory.load(p)?)),

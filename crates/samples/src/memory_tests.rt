@@ -1,21 +1,23 @@
 // Examples, and callers that know which memory they hold.
-ghost use Rattle.std.specs.Prelude.{◌≡◌, OnOk, slice_set};
-ghost use Rattle.memories.specs.Back.{back_image};
-ghost use Rattle.memories.specs.Tables.{image_of};
+ghost use Rattle.std.specs.Prelude.{◌≡◌, OnOk, fold, slice_set};
+ghost use Rattle.memories.specs.Back.{back_after, back_held, back_image};
+ghost use Rattle.memories.specs.Tables.{image_of, lent_by, rest_of};
 ghost use Rattle.memories.specs.Through.{through_image};
 ghost use Rattle.samples.specs.Lent.{RestKept};
 
 use memories::tables::Tables;
 use memories::write_back::WriteBack;
+use memories::write_back::lent::perform_on_tables;
 use memories::write_through::WriteThrough;
 use memory::calls::Call;
 use memory::memory::{Memory, perform};
 use memory::refusals::MemoryFault;
 use std::test::Fail;
 
-// Every word after calls through the interface: word p lasts, and no other word changes.
+// Every word after calls through the interface: word p lasts, and no other word changes. It holds the same tables.
 fn save_back(memory: &mut WriteBack, p: usize, v: u32) -> Result<(), MemoryFault>
-    ensures { OnOk result (back_image memory.new ≡ image_of (slice_set (back_image memory.old).working p v) (slice_set (back_image memory.old).lasting p v)) }
+    ensures words { OnOk result (back_image memory.new ≡ image_of (slice_set (back_image memory.old).working p v) (slice_set (back_image memory.old).lasting p v)) }
+    ensures held { back_held memory.new ≡ back_held memory.old }
 {
     perform(memory, Call::Store(p, v))?;
     perform(memory, Call::Flush(p))?;
@@ -41,6 +43,27 @@ fn perform_all(working: &mut [u32], lasting: &mut [u32], calls: &[Call])
     for call in calls {
         let _ = perform(&mut memory, *call);
     }
+}
+
+// The caller's own tables after these calls, one loan for each: all first words, and the words past the shorter length.
+fn perform_each(working: &mut [u32], lasting: &mut [u32], calls: &[Call])
+    ensures words { lent_by working.new lasting.new ≡ fold back_after (lent_by working.old lasting.old) calls.now }
+    ensures working { rest_of working.new lasting.new ≡ rest_of working.old lasting.old }
+    ensures lasting { rest_of lasting.new working.new ≡ rest_of lasting.old working.old }
+{
+    for call in calls {
+        let _ = perform_on_tables(working, lasting, *call);
+    }
+}
+
+// The caller's own table after the loan: word p is v, and no other word changes.
+fn keep_word(words: &mut [u32], p: usize, v: u32) -> Result<(), MemoryFault>
+    ensures { OnOk result (words.new ≡ slice_set words.old p v) }
+{
+    let mut memory = WriteThrough::new(words);
+    memory.store(p, v)?;
+    memory.cut();
+    Ok(())
 }
 
 #[test]
@@ -89,5 +112,30 @@ fn a_stored_word_lasts_at_once(rt: HostRuntime) -> Result<(), Fail> {
     assert_eq!(rt; memory.load(1)?, 7);
     assert_eq!(rt; memory.tables().1, [3, 7].as_slice());
     assert_eq!(rt; memory.flush(2), Err(MemoryFault { place: 2 }));
+    Ok(())
+}
+
+#[test]
+fn lent_tables_come_back(rt: HostRuntime) -> Result<(), Fail> {
+    let mut working = [1, 2, 3];
+    let mut lasting = [4, 5, 6, 7];
+    assert_eq!(rt;
+        perform_on_tables(&mut working, &mut lasting, Call::Load(1))?,
+        Some(2)
+    );
+    perform_each(
+        &mut working,
+        &mut lasting,
+        &[
+            Call::Store(0, 9),
+            Call::Flush(0),
+            Call::Store(3, 9),
+            Call::Cut,
+        ],
+    );
+    assert_eq!(rt; working, [9, 5, 6]);
+    assert_eq!(rt; lasting, [9, 5, 6, 7]);
+    keep_word(&mut working, 2, 8)?;
+    assert_eq!(rt; working, [9, 5, 8]);
     Ok(())
 }

@@ -32,6 +32,7 @@ impl fmt::Display for Answer {
 pub fn ask<M: Memory>(memory: &mut M, command: Command) -> Answer
     ensures answer { result ≡ answered command (M.image memory.old) }
     ensures words { Asked M.exact command (M.image memory.old) (M.image memory.new) }
+    ensures held { M.held memory.new ≡ M.held memory.old }
 {
     match command {
         Command::Memory(_, _) | Command::Words => Answer::Done,

@@ -1,6 +1,6 @@
 // The calls of the write-back memory.
 ghost use Rattle.std.specs.Prelude.{◌≡◌, ◌<◌, length};
-ghost use Rattle.memories.specs.Back.{back_does, back_image, back_level, restored};
+ghost use Rattle.memories.specs.Back.{back_does, back_held, back_image, back_level, restored};
 ghost use Rattle.memories.specs.Tables.{image_of, front};
 
 use crate::tables::{Tables, check_place};
@@ -23,7 +23,8 @@ impl<'a> WriteBack<'a> {
     // Copies lasting word p back to the working list.
     fn restore(&mut self, p: usize)
         requires { p < length self.old.working.now }
-        ensures { back_image self.new ≡ restored p (back_image self.old) }
+        ensures words { back_image self.new ≡ restored p (back_image self.old) }
+        ensures held { back_held self.new ≡ back_held self.old }
     {
         self.working[p] = self.lasting[p];
     }
@@ -35,6 +36,8 @@ impl<'a> Memory for WriteBack<'a> {
     ghost level = { back_level };
 
     ghost exact = { λ call i j. j ≡ back_does call i };
+
+    ghost held = { back_held };
 
     fn size(&self) -> usize {
         self.working.len()

@@ -1,7 +1,7 @@
 // The calls of the write-through memory.
-ghost use Rattle.std.specs.Prelude.{◌≡◌};
+ghost use Rattle.std.specs.Prelude.{◌≡◌, [], ◌∷◌};
 ghost use Rattle.memories.specs.Tables.{image_of};
-ghost use Rattle.memories.specs.Through.{through_image, through_level, through_does};
+ghost use Rattle.memories.specs.Through.{through_does, through_held, through_image, through_level};
 
 use crate::tables::{Tables, check_place};
 use crate::write_through::WriteThrough;
@@ -10,7 +10,8 @@ use memory::refusals::MemoryFault;
 
 impl<'a> WriteThrough<'a> {
     pub fn new(words: &'a mut [u32]) -> WriteThrough<'a>
-        ensures { through_image result ≡ image_of words.old words.old }
+        ensures words { through_image result ≡ image_of words.old words.old }
+        ensures held { through_held result ≡ words.entry.ghost_name ∷ [] }
     {
         WriteThrough { words }
     }
@@ -22,6 +23,8 @@ impl<'a> Memory for WriteThrough<'a> {
     ghost level = { through_level };
 
     ghost exact = { λ call i j. j ≡ through_does call i };
+
+    ghost held = { through_held };
 
     fn size(&self) -> usize {
         self.words.len()
