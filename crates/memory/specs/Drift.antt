@@ -1,4 +1,4 @@
--- Drift: what may become of lasting words at any call that touches the memory.
+-- Drift: what may become of lasting words at a store, a flush, an evict and a cut.
 use Rattle.std.specs.Prelude.{◌≡◌, ℕ, ◌⊎◌, List, length}
 use Rattle.memory.specs.Image.{word_at}
 

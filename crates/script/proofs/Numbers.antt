@@ -7,7 +7,7 @@ use Rattle.std.proofs.lemmas.Str.Parse.{IsNumeralModel, numerals_by_value, tells
 use Rattle.std.proofs.lemmas.Bool.{and_parts, and_from, cond-true, cond_both, ltb-true, lt-ltb}
 use Rattle.script.specs.Tokens.{number_of}
 
--- `allDigits` and `value 10` are the library's own words for digits and what they write.
+-- `all_ascii_digits` and `digits_value 10` are the library's own words for digits and what they write.
 pub own : IsNumeralModel (λ ds. all_ascii_digits ds ≡ true) (digits_value 10)
 own = numerals_by_value _ tells_all_ascii_digits
 
