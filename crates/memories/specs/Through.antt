@@ -1,5 +1,6 @@
 -- The write-through memory: one table is both lists.
-use Rattle.std.specs.Prelude.{ℕ, List, [], ◌∷◌, slice_set, refl}
+use Rattle.std.specs.Prelude.{List, [], ◌∷◌, slice_set, refl}
+use Rattle.memory.specs.Held.{Loan, loan}
 use Rattle.memory.specs.Image.{Image, Level}
 use Rattle.memory.specs.declared.calls.Call.{Call}
 use Rattle.memory.specs.declared.calls.Call.TheVariants.{Load, Store, Flush, Evict, Cut}
@@ -14,9 +15,9 @@ through_image m = image_of m.words.now m.words.now
 pub through_level : (m : WriteThrough) → Level (through_image m)
 through_level m = refl
 
--- The table that it holds, by the name of its reference.
-abbrev pub through_held : WriteThrough → List ℕ
-through_held m = m.words.ghost_name ∷ []
+-- The table that it holds. All words of it are the memory's.
+abbrev pub through_held : WriteThrough → List Loan
+through_held m = loan m.words.ghost_name [] ∷ []
 
 -- A store makes word p last at once; no other call changes a word.
 abbrev pub through_does : Call → Image → Image

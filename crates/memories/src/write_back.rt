@@ -1,12 +1,11 @@
 // A memory whose words last only once they are copied from the working to the lasting table.
-ghost use Rattle.std.specs.Prelude.{◌≡◌, length};
-
 pub mod calls;
 pub mod lent;
 
+// Its size is the shorter length. The words of the longer table past the size are no part of it.
+// Two tables and no table of pairs: they are the caller's, and a printer's lasting words lie by themselves.
 #[derive(Drop)]
-pub struct WriteBack<'a> {
-    working: &'a mut [u32],
-    lasting: &'a mut [u32],
-    ghost level: { length lasting.now ≡ length working.now },
+pub struct WriteBack<'w, 'l> {
+    working: &'w mut [u32],
+    lasting: &'l mut [u32],
 }

@@ -34,14 +34,8 @@ drift_one working before p inside =
       long = length-set before p (word_at working p);
       each = λ k.
           ⊎_elim
-          (λ (same : k ≡ p).
-          subst (λ (x : ℕ). Settles (word_at working k) (word_at before k) x)
-          (subst (λ (q : ℕ). word_at working k ≡ word_at (set before q (word_at working q)) k) same
-          (sym (get_or-set_same before k (word_at working k) 0 (subst (λ (q : ℕ). q < length before) (sym same) inside))))
-          (settles_take (word_at working k) (word_at before k)))
-          (λ (other : k ≡ p → ⊥).
-          subst (λ (x : ℕ). Settles (word_at working k) (word_at before k) x) (sym (get_or-set_other before p k (word_at working p) 0 other))
-          (settles_stay (word_at working k) (word_at before k)))
+          (λ (same : k ≡ p). rw same (rw (get_or-set_same before p (word_at working p) 0 inside) (settles_take (word_at working p) (word_at before p))))
+          (λ (other : k ≡ p → ⊥). rw (get_or-set_other before p k (word_at working p) 0 other) (settles_stay (word_at working k) (word_at before k)))
           (cases_eq k p);
     }
 

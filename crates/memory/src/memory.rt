@@ -1,5 +1,6 @@
 // The interface of a memory.
-ghost use Rattle.std.specs.Prelude.{◌≡◌, ℕ, List, []};
+ghost use Rattle.std.specs.Prelude.{◌≡◌, List, []};
+ghost use Rattle.memory.specs.Held.{Loan};
 ghost use Rattle.memory.specs.Image.{Image, Level, size_of, word_at};
 ghost use Rattle.memory.specs.Refusals.{within};
 ghost use Rattle.memory.specs.Calls.{Done, Leaves, answer_of};
@@ -13,21 +14,19 @@ pub trait Memory {
     // The working and the lasting words.
     ghost image: { Self → Image };
 
-    // There are as many lasting words as working ones.
-    ghost level: { (m : Self) → Level (image m) };
-
     // What a granted call of this memory does to the words, where it is less free than the rules.
     ghost exact: { AnyCall → Image → Image → Type 0 };
 
-    // The tables that are lent to it, by the names of the references to them. No call exchanges one for another,
-    // so a caller knows its tables again when the loan ends.
-    ghost held: { Self → List ℕ } = { λ _. [] };
+    // The tables that are lent to it. No call exchanges one for another, or changes a word of one that is no part of
+    // the memory, so a caller knows its tables again when the loan ends. Each call says so in a clause of its own,
+    // since an invariant of a type cannot compare a value before a call and after it.
+    ghost held: { Self → List Loan } = { λ _. [] };
 
     // The number of places, which never changes.
     fn size(&self) -> usize
         ensures { result ≡ size_of (image self.now) };
 
-    // Working word p.
+    // Working word p. Like each call it says its own answer, and what is the same in several is one word, `within`.
     fn load(&mut self, p: usize) -> Result<u32, MemoryFault>
         ensures answer { result ≡ within (size_of (image self.old)) p (word_at (image self.old).working p) }
         ensures words { Leaves exact (Load p) (image self.old) result (image self.new) }
@@ -55,9 +54,13 @@ pub trait Memory {
     fn cut(&mut self)
         ensures words { Done exact Cut (image self.old) (image self.new) }
         ensures held { held self.new ≡ held self.old };
+
+    // There are as many lasting words as working ones.
+    ghost level: { (m : Self) → Level (image m) };
 }
 
 // Makes one call: a load answers its word, the others nothing.
+// A call is a value, which a script holds and prints, so there is a match here: a closure could only be called.
 pub fn perform<M: Memory>(memory: &mut M, call: Call) -> Result<Option<u32>, MemoryFault>
     ensures answer { result ≡ answer_of call (M.image memory.old) }
     ensures words { Leaves M.exact call (M.image memory.old) result (M.image memory.new) }
@@ -65,19 +68,10 @@ pub fn perform<M: Memory>(memory: &mut M, call: Call) -> Result<Option<u32>, Mem
     ensures held { M.held memory.new ≡ M.held memory.old }
 {
     match call {
-        Call::Load(p) => Ok(Some(memory.load(p)?)),
-        Call::Store(p, v) => {
-            memory.store(p, v)?;
-            Ok(None)
-        }
-        Call::Flush(p) => {
-            memory.flush(p)?;
-            Ok(None)
-        }
-        Call::Evict(p) => {
-            memory.evict(p)?;
-            Ok(None)
-        }
+        Call::Load(p) => memory.load(p).map(Some),
+        Call::Store(p, v) => memory.store(p, v).map(|()| None),
+        Call::Flush(p) => memory.flush(p).map(|()| None),
+        Call::Evict(p) => memory.evict(p).map(|()| None),
         Call::Cut => {
             memory.cut();
             Ok(None)

@@ -3,6 +3,7 @@
 ghost use Rattle.std.specs.Prelude.{◌≡◌, Some};
 ghost use Rattle.memory.specs.Refusals.{tells, layer_text, refusal_text};
 
+use std::error::Error;
 use std::fmt;
 
 // The layer that finds a refusal.
@@ -17,17 +18,18 @@ impl fmt::Display for Layer {
     ghost output = { λ l. Some (layer_text l) };
 
     fn fmt<W: fmt::Write>(&self, f: &mut fmt::Formatter<W>) -> fmt::Result {
-        match self {
-            Layer::Memory => f.write_str("memory"),
-            Layer::Log => f.write_str("log"),
-            Layer::Engine => f.write_str("engine"),
-        }
+        f.write_str(match self {
+            Layer::Memory => "memory",
+            Layer::Log => "log",
+            Layer::Engine => "engine",
+        })
     }
 }
 
 // What every refusal tells, whatever its layer.
 #[derive(Clone, Copy, PartialEq, Eq, Debug)]
 pub struct Refusal {
+    // A number and no enum, since the rules name refusals by their numbers.
     pub number: u32,
     pub layer: Layer,
     pub place: usize,
@@ -37,10 +39,7 @@ impl fmt::Display for Refusal {
     ghost output = { λ x. Some (refusal_text x) };
 
     fn fmt<W: fmt::Write>(&self, f: &mut fmt::Formatter<W>) -> fmt::Result {
-        let number = self.number;
-        let layer = self.layer;
-        let place = self.place;
-        write!(f, "refused {number} {layer} {place}")
+        write!(f, "refused {} {} {}", self.number, self.layer, self.place)
     }
 }
 
@@ -51,22 +50,33 @@ pub struct MemoryFault {
 }
 
 impl MemoryFault {
+    // `From` of a borrowed fault. It stays as a public promise.
     pub fn refusal(&self) -> Refusal
         ensures { result ≡ tells self.now }
     {
+        Refusal::from(*self)
+    }
+}
+
+impl From<MemoryFault> for Refusal {
+    ghost from_gives = { λ fault refusal. refusal ≡ tells fault };
+
+    fn from(fault: MemoryFault) -> Refusal {
         Refusal {
             number: 13,
             layer: Layer::Memory,
-            place: self.place,
+            place: fault.place,
         }
     }
 }
 
+// By hand, since a derived `Display` of an error has no contract.
 impl fmt::Display for MemoryFault {
     ghost output = { λ x. Some (refusal_text (tells x)) };
 
     fn fmt<W: fmt::Write>(&self, f: &mut fmt::Formatter<W>) -> fmt::Result {
-        let refusal = self.refusal();
-        write!(f, "{refusal}")
+        self.refusal().fmt(f)
     }
 }
+
+impl Error for MemoryFault {}

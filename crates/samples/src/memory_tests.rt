@@ -1,11 +1,10 @@
-// Examples, and callers that know which memory they hold.
+// Examples, and what callers can prove of their words.
 ghost use Rattle.std.specs.Prelude.{◌≡◌, OnOk, fold, slice_set};
-ghost use Rattle.memories.specs.Back.{back_after, back_held, back_image};
-ghost use Rattle.memories.specs.Tables.{image_of, lent_by, rest_of};
-ghost use Rattle.memories.specs.Through.{through_image};
+ghost use Rattle.memories.specs.Back.{back_after};
+ghost use Rattle.memories.specs.Tables.{lent_by, rest_of, saved};
 ghost use Rattle.samples.specs.Lent.{RestKept};
 
-use memories::tables::Tables;
+use memories::tables::{Exact, Tables};
 use memories::write_back::WriteBack;
 use memories::write_back::lent::perform_on_tables;
 use memories::write_through::WriteThrough;
@@ -15,37 +14,30 @@ use memory::refusals::MemoryFault;
 use std::test::Fail;
 
 // Every word after calls through the interface: word p lasts, and no other word changes. It holds the same tables.
-fn save_back(memory: &mut WriteBack, p: usize, v: u32) -> Result<(), MemoryFault>
-    ensures words { OnOk result (back_image memory.new ≡ image_of (slice_set (back_image memory.old).working p v) (slice_set (back_image memory.old).lasting p v)) }
-    ensures held { back_held memory.new ≡ back_held memory.old }
+fn save<M: Exact>(memory: &mut M, p: usize, v: u32) -> Result<(), MemoryFault>
+    ensures words { OnOk result (M.image memory.new ≡ saved p v (M.image memory.old)) }
+    ensures held { M.held memory.new ≡ M.held memory.old }
 {
     perform(memory, Call::Store(p, v))?;
     perform(memory, Call::Flush(p))?;
     Ok(())
 }
 
-fn save_through(memory: &mut WriteThrough, p: usize, v: u32) -> Result<(), MemoryFault>
-    ensures { OnOk result (through_image memory.new ≡ image_of (slice_set (through_image memory.old).working p v) (slice_set (through_image memory.old).lasting p v)) }
-{
-    perform(memory, Call::Store(p, v))?;
-    perform(memory, Call::Flush(p))?;
-    Ok(())
-}
-
-// A caller that lends its own tables for a while.
-// Makes these calls, and passes over those that are refused. Past the shorter length no word of either table changes.
+// A caller that lends its own tables for a while, makes these calls, and passes over those that are refused:
+// all first words afterwards, and past the shorter length no word of either table changes.
+// Parameters and clauses are as in `perform_on_tables`.
 fn perform_all(working: &mut [u32], lasting: &mut [u32], calls: &[Call])
+    ensures words { lent_by working.new lasting.new ≡ fold back_after (lent_by working.old lasting.old) calls.now }
     ensures working { RestKept working.old lasting.old working.new }
     ensures lasting { RestKept lasting.old working.old lasting.new }
 {
-    let size = working.len().min(lasting.len());
-    let mut memory = WriteBack::new(&mut working[0..size], &mut lasting[0..size]);
+    let mut memory = WriteBack::new(working, lasting);
     for call in calls {
         let _ = perform(&mut memory, *call);
     }
 }
 
-// The caller's own tables after these calls, one loan for each: all first words, and the words past the shorter length.
+// The same with a loan for each call. Both stand, since each shows another way to lend.
 fn perform_each(working: &mut [u32], lasting: &mut [u32], calls: &[Call])
     ensures words { lent_by working.new lasting.new ≡ fold back_after (lent_by working.old lasting.old) calls.now }
     ensures working { rest_of working.new lasting.new ≡ rest_of working.old lasting.old }
@@ -71,7 +63,7 @@ fn a_flushed_word_lasts(rt: HostRuntime) -> Result<(), Fail> {
     let mut working = [0; 4];
     let mut lasting = [0; 4];
     let mut memory = WriteBack::new(&mut working, &mut lasting);
-    save_back(&mut memory, 3, 7)?;
+    save(&mut memory, 3, 7)?;
     memory.store(3, 9)?;
     memory.store(1, 5)?;
     memory.evict(1)?;
@@ -108,7 +100,7 @@ fn a_stored_word_lasts_at_once(rt: HostRuntime) -> Result<(), Fail> {
     let mut memory = WriteThrough::new(&mut words);
     memory.store(1, 7)?;
     memory.cut();
-    save_through(&mut memory, 0, 3)?;
+    save(&mut memory, 0, 3)?;
     assert_eq!(rt; memory.load(1)?, 7);
     assert_eq!(rt; memory.tables().1, [3, 7].as_slice());
     assert_eq!(rt; memory.flush(2), Err(MemoryFault { place: 2 }));

@@ -1,9 +1,10 @@
 // The calls of the write-through memory.
-ghost use Rattle.std.specs.Prelude.{◌≡◌, [], ◌∷◌};
+ghost use Rattle.std.specs.Prelude.{◌≡◌, [], ◌∷◌, refl};
+ghost use Rattle.memory.specs.Held.{loan};
 ghost use Rattle.memories.specs.Tables.{image_of};
 ghost use Rattle.memories.specs.Through.{through_does, through_held, through_image, through_level};
 
-use crate::tables::{Tables, check_place};
+use crate::tables::{Exact, Tables, check_place};
 use crate::write_through::WriteThrough;
 use memory::memory::Memory;
 use memory::refusals::MemoryFault;
@@ -11,16 +12,16 @@ use memory::refusals::MemoryFault;
 impl<'a> WriteThrough<'a> {
     pub fn new(words: &'a mut [u32]) -> WriteThrough<'a>
         ensures words { through_image result ≡ image_of words.old words.old }
-        ensures held { through_held result ≡ words.entry.ghost_name ∷ [] }
+        ensures held { through_held result ≡ loan words.entry.ghost_name [] ∷ [] }
     {
         WriteThrough { words }
     }
 }
 
+// `load` and `evict` do what write-back's do. They are a line or two, and a type around a table that both memories
+// could share would leave as many lines here, as calls of its methods.
 impl<'a> Memory for WriteThrough<'a> {
     ghost image = { through_image };
-
-    ghost level = { through_level };
 
     ghost exact = { λ call i j. j ≡ through_does call i };
 
@@ -50,10 +51,20 @@ impl<'a> Memory for WriteThrough<'a> {
     }
 
     fn cut(&mut self) {}
+
+    ghost level = { through_level };
 }
 
 impl<'a> Tables for WriteThrough<'a> {
     fn tables(&self) -> (&[u32], &[u32]) {
         (self.words, self.words)
     }
+}
+
+impl<'a> Exact for WriteThrough<'a> {
+    ghost does = { through_does };
+
+    ghost exactly = { λ _ _ _ done. done };
+
+    ghost saves = { λ _ _ _ _. refl };
 }
