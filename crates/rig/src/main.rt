@@ -7,13 +7,13 @@ use memories::write_back::WriteBack;
 use memories::write_through::WriteThrough;
 use script::answers::ask;
 use script::commands::{Command, Kind};
-use script::lines::Line;
 use script::read::read_script;
+use script::scripts::Step;
 use std::io;
 use std::process::ExitCode;
 
 // One list of words, with its name before it.
-fn print_words(rt: &HostRuntime, name: &str, words: &[u32]) -> io::Result<()> {
+fn print_words(rt: &impl Print, name: &str, words: &[u32]) -> io::Result<()> {
     print!(rt; "{name}")?;
     for word in words {
         print!(rt; " {word}")?;
@@ -23,74 +23,72 @@ fn print_words(rt: &HostRuntime, name: &str, words: &[u32]) -> io::Result<()> {
 
 // Carries out one command on the memory.
 fn carry_out<M: Tables>(
-    rt: &HostRuntime,
+    rt: &impl Print,
     memory: &mut M,
     text: &str,
     command: Command,
 ) -> io::Result<()> {
-    if let Command::Words = command {
+    if command == Command::Words {
         let (working, lasting) = memory.tables();
         print_words(rt, "working", working)?;
         return print_words(rt, "lasting", lasting);
     }
-    let answer = ask(memory, command);
-    println!(rt; "{text}: {answer}")
+    match ask(memory, command) {
+        Ok(answer) => println!(rt; "{text}: {answer}"),
+        Err(fault) => println!(rt; "{text}: {fault}"),
+    }
 }
 
-// Carries out the commands of these lines on one memory, up to the next memory line.
-fn drive<M: Tables>(
-    rt: &HostRuntime,
-    memory: &mut M,
-    lines: &[Line],
-    commands: &[Option<Command>],
-) -> io::Result<()> {
-    for (index, (line, command)) in lines.iter().zip(commands).enumerate() {
-        match command {
-            Some(Command::Memory(_, _)) if index > 0 => break,
-            Some(command) => carry_out(rt, memory, &line.text, *command)?,
-            None => {}
+// Carries out these lines on one memory.
+fn drive<M: Tables>(rt: &impl Print, memory: &mut M, steps: &[Step]) -> io::Result<()> {
+    for step in steps {
+        if let Some(command) = step.command {
+            carry_out(rt, memory, &step.line.text, command)?;
         }
     }
     Ok(())
 }
 
-// Makes a memory with all words zero, and carries out these lines on it.
+// Makes a memory with all words zero, and carries out these lines on it. Each kind is a type of its own.
 fn run_on(
-    rt: &HostRuntime,
+    rt: &(impl Print + AllocGlobal),
     kind: Kind,
     places: usize,
-    lines: &[Line],
-    commands: &[Option<Command>],
+    steps: &[Step],
 ) -> io::Result<()> {
     let mut working = vec![in rt.alloc(); 0u32; places]?;
     match kind {
         Kind::Back => {
             let mut lasting = vec![in rt.alloc(); 0u32; places]?;
-            drive(
-                rt,
-                &mut WriteBack::new(&mut working, &mut lasting),
-                lines,
-                commands,
-            )
+            drive(rt, &mut WriteBack::new(&mut working, &mut lasting), steps)
         }
-        Kind::Through => drive(rt, &mut WriteThrough::new(&mut working), lines, commands),
+        Kind::Through => drive(rt, &mut WriteThrough::new(&mut working), steps),
     }
 }
 
-// Carries out a script, one memory after the other.
-fn run(rt: &HostRuntime, lines: &[Line], commands: &[Option<Command>]) -> io::Result<()> {
-    for index in 0..commands.len().min(lines.len()) {
-        if let Some(Command::Memory(kind, places)) = commands[index] {
-            run_on(rt, kind, places, &lines[index..], &commands[index..])?;
+// The memory that a step makes.
+fn memory_of(step: &Step) -> Option<(Kind, usize)> {
+    match step.command {
+        Some(Command::Memory(kind, places)) => Some((kind, places)),
+        _ => None,
+    }
+}
+
+// Carries out a script, one memory after the other: each has the lines up to the next memory line.
+// Before the first memory line there is nothing to carry out.
+fn run(rt: &(impl Print + AllocGlobal), steps: &[Step]) -> io::Result<()> {
+    for part in steps.chunk_by(|_, next| memory_of(next).is_none()) {
+        if let Some((kind, places)) = part.first().and_then(memory_of) {
+            run_on(rt, kind, places, part)?;
         }
     }
     Ok(())
 }
 
-fn rig(rt: &HostRuntime) -> anyhow::Result<()> {
-    let text = io::read_to_string(rt.alloc(), rt.stdin())?;
+fn rig(rt: &(impl Input + Print + AllocGlobal)) -> anyhow::Result<()> {
+    let text = io::read_to_string(rt.alloc(), rt.reader())?;
     let script = read_script(rt.alloc(), &text)?;
-    run(rt, &script.lines, &script.commands)?;
+    run(rt, &script.steps)?;
     Ok(())
 }
 

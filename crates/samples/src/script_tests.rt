@@ -18,10 +18,10 @@ fn lines_are_read(rt: HostRuntime) -> Result<(), Fail> {
     ];
     for (text, written) in cases {
         let script = read_script(rt.alloc(), text)?;
-        match script.commands.last() {
-            Some(Some(command)) => assert_eq!(rt; command.text(rt.alloc())?.as_str(), written),
-            _ => return Err(Fail::new(text)),
-        }
+        let Some(Some(command)) = script.steps.last().map(|step| step.command) else {
+            return Err(Fail::new(text));
+        };
+        assert_eq!(rt; command.text(rt.alloc())?.as_str(), written);
     }
     Ok(())
 }
@@ -65,16 +65,17 @@ fn lines_are_refused(rt: HostRuntime) -> Result<(), Fail> {
 #[test]
 fn answers_are_shown(rt: HostRuntime) -> Result<(), Fail> {
     let cases = [
-        (Answer::Done, "ok"),
-        (Answer::Value(7), "value 7"),
-        (Answer::Size(12), "12"),
-        (
-            Answer::Refused(MemoryFault { place: 12 }),
-            "refused 13 memory 12",
-        ),
+        (Ok(Answer::Done), "ok"),
+        (Ok(Answer::Value(7)), "value 7"),
+        (Ok(Answer::Size(12)), "12"),
+        (Err(MemoryFault { place: 12 }), "refused 13 memory 12"),
     ];
     for (answer, text) in cases {
-        assert_eq!(rt; answer.to_string(rt.alloc())?.as_str(), text);
+        let shown = match answer {
+            Ok(answer) => answer.to_string(rt.alloc())?,
+            Err(fault) => fault.to_string(rt.alloc())?,
+        };
+        assert_eq!(rt; shown.as_str(), text);
     }
     Ok(())
 }

@@ -1,5 +1,5 @@
 -- The library's iterators give the words of a text, and its lines.
-use Rattle.std.proofs.Common.{◌≡◌, ℕ, List, [], ◌∷◌, ◌++◌, map, length, Err, sym, ap, ◌∙◌, subst, Bor}
+use Rattle.std.proofs.Common.{◌≡◌, ℕ, List, [], ◌∷◌, ◌++◌, map, length, sym, ap, ◌∙◌, subst, Bor}
 use Rattle.std.proofs.lemmas.List.{map-append}
 use Rattle.std.specs.Iterator.{Yields}
 use Rattle.std.specs.Str.Iter.{lines_rest, split_whitespace_rest, lines_steps, split_whitespace_steps}
@@ -8,9 +8,7 @@ use Rattle.std.specs.Char.{is_not_whitespace}
 use Rattle.std.specs.declared.str.Lines.{Lines}
 use Rattle.std.specs.declared.str.SplitWhitespace.{SplitWhitespace}
 use Rattle.script.specs.Lines.{CutFrom, WordsIn}
-use Rattle.script.specs.Scripts.{CutAs, LinesIn, LinesOf, RefusedFor, Told}
-use Rattle.script.specs.declared.read.Unread.{Unread}
-use Rattle.script.specs.declared.read.Unread.TheVariants as unread
+use Rattle.script.specs.Scripts.{CutAs, LinesIn}
 use Rattle.script.specs.declared.lines.Line.{Line}
 
 pub words_in_text : (xs : List (Bor (List ℕ))) (s t : SplitWhitespace) → Yields split_whitespace_steps s xs t → NoCharPasses is_not_whitespace (split_whitespace_rest t)
@@ -35,8 +33,3 @@ cut_more (t ∷ texts) (l ∷ lines) text line are cut = (are.0, cut_more texts 
 pub pieces_cut : (rs : List (Bor (List ℕ))) (r : Bor (List ℕ)) (lines : List Line) (line : Line) → CutAs (map (λ x. x.now) rs) lines → CutFrom r.now line
     → CutAs (map (λ x. x.now) (rs ++ (r ∷ []))) (lines ++ (line ∷ []))
 pieces_cut rs r lines line are cut = rw (map-append (λ x. x.now) rs (r ∷ [])) (cut_more (map (λ x. x.now) rs) lines r.now line are cut)
-
--- A refused script is the text's.
-pub refused_read : (text : List ℕ) (lines : List Line) (why : Unread) → LinesOf text lines → Told lines (Err why) → RefusedFor text why
-refused_read text lines (unread.Line index flaw) are told = (lines, are, told)
-refused_read text lines unread.NoRoom are told = tt

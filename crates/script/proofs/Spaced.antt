@@ -1,17 +1,15 @@
 -- Words one space apart, one word after the other.
-use Rattle.std.proofs.Common.{◌≡◌, ℕ, Bool, false, cond, eqb, List, [], ◌∷◌, ◌++◌, map, length, vec_len, codes, sym, ap, ◌∙◌, append_assoc, append-nil, arith, Bor}
+use Rattle.std.proofs.Common.{◌≡◌, ℕ, false, cond, eqb, List, [], ◌∷◌, ◌++◌, map, length, vec_len, codes, ap, ◌∙◌, append_assoc, append-nil, arith, Bor}
 use Rattle.std.proofs.lemmas.List.{length-map, map-append}
 use Rattle.std.proofs.lemmas.Bool.{ne_eqb}
 use Rattle.script.specs.Language.{Word, after_word, line_text}
 use Rattle.script.specs.Lines.{WithWord, WordsAre}
 use Rattle.script.specs.Tokens.{token_of}
 use Rattle.script.specs.declared.lines.Line.{Line}
-use Rattle.script.specs.declared.tokens.Token.{Token}
 
 after_push : (ws : List Word) (w : Word) → after_word (ws ++ (w ∷ [])) ≡ after_word ws ++ (codes " " ++ w)
-after_push [] w = ap (λ (x : Word). codes " " ++ x) (append-nil w)
-after_push (v ∷ vs) w =
-    ap (λ (x : Word). codes " " ++ (v ++ x)) (after_push vs w) ∙ ap (λ (x : Word). codes " " ++ x) (sym (append_assoc v (after_word vs) (codes " " ++ w)))
+after_push [] w = simp append-nil
+after_push (v ∷ vs) w = simp (after_push vs w, append_assoc)
 
 -- No space before the first word, one before each other.
 abbrev pub gap : ℕ → Word
@@ -21,18 +19,14 @@ text_push : (ws : List Word) (w : Word) → line_text (ws ++ (w ∷ [])) ≡ (li
 text_push [] w = append-nil w
 text_push (v ∷ vs) w =
     let some : eqb (length (v ∷ vs)) 0 ≡ false = ne_eqb (length (v ∷ vs)) 0 (λ e. omega arith) in
-    ap (λ (x : Word). v ++ x) (after_push vs w) ∙ sym (append_assoc v (after_word vs) (codes " " ++ w))
-    ∙ sym (append_assoc (v ++ after_word vs) (codes " ") w)
-    ∙ ap (λ (b : Bool). ((v ++ after_word vs) ++ cond b [] (codes " ")) ++ w) (sym some)
+    simp (after_push vs w, append_assoc, some)
 
 pub words_more : (ws : List Word) (w : Word) (line longer : Line) → WordsAre ws line → WithWord line w longer → WordsAre (ws ++ (w ∷ [])) longer
 words_more ws w line longer are more =
-    let count : vec_len line.tokens ≡ length ws = line.tokens.ok.0 ∙ ap (λ (ts : List Token). length ts) are.tokens ∙ length-map ws token_of in
+    let count : vec_len line.tokens ≡ length ws = line.tokens.ok.0 ∙ ap length are.tokens ∙ length-map ws token_of in
     record {
-      text =
-          more.text ∙ ap (λ (x : Word). (x ++ gap (vec_len line.tokens)) ++ w) are.text
-          ∙ ap (λ (n : ℕ). (line_text ws ++ gap n) ++ w) count ∙ sym (text_push ws w);
-      tokens = more.tokens ∙ ap (λ (ts : List Token). ts ++ (token_of w ∷ [])) are.tokens ∙ sym (map-append token_of ws (w ∷ []));
+      text = more.text ∙ simp (are.text, count, text_push ws w);
+      tokens = more.tokens ∙ simp (are.tokens, map-append);
     }
 
 -- The same where the words are those that references point to.

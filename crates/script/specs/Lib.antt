@@ -4,3 +4,4 @@ pub mod Reading
 pub mod Answers
 pub mod Lines
 pub mod Scripts
+pub mod Complaints

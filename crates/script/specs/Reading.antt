@@ -1,5 +1,5 @@
 -- Which words are which command, and why others are none.
-use Rattle.std.specs.Prelude.{◌≡◌, ℕ, ◌^◌, ◌<◌, Bool, true, cond, List, map, length, Some, None, Ok, Err, Option, Result, nat_lt, slice_index_or}
+use Rattle.std.specs.Prelude.{◌≡◌, ℕ, ◌^◌, ◌<◌, Bool, true, cond, List, map, length, Some, None, Ok, Err, MatchResult, Option, Result, nat_lt, slice_index_or}
 use Rattle.memory.specs.declared.calls.Call.TheVariants as call
 use Rattle.script.specs.Language.{words_of}
 use Rattle.script.specs.Tokens.{token_of}
@@ -44,6 +44,14 @@ number_in limit index token.Other = Err (NotANumber index)
 -- The same of the token that stands at the index.
 abbrev pub number_at : ℕ → List Token → ℕ → Result ℕ Flaw
 number_at limit ts index = number_in limit index (slice_index_or ts index token.Other)
+
+-- The number that a token writes, converted to a type, where `gives` says what the conversion may answer.
+abbrev pub Numbered : {N E : Type 0} → (ℕ → Result N E → Type 0) → ℕ → Token → Result N Flaw → Type 0
+Numbered gives index token.Comment r = r ≡ Err (NotANumber index)
+Numbered gives index (token.Verb v) r = r ≡ Err (NotANumber index)
+Numbered gives index (token.Kind k) r = r ≡ Err (NotANumber index)
+Numbered gives index (token.Number n) r = (q : _) × gives n q × MatchResult q (λ x. r ≡ Ok x) (λ _. r ≡ Err (NotANumber index))
+Numbered gives index token.Other r = r ≡ Err (NotANumber index)
 
 -- The kind of memory that a token names.
 abbrev pub kind_in : Token → Result Kind Flaw

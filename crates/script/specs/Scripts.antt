@@ -1,5 +1,5 @@
 -- Whole scripts: what all lines say, or the first that is refused.
-use Rattle.std.specs.Prelude.{◌≡◌, ℕ, ◌+◌, ◌<◌, Bool, true, false, List, [], ◌∷◌, length, Some, None, Ok, Err, vec_items, Option, Result, Vec}
+use Rattle.std.specs.Prelude.{◌≡◌, ℕ, ◌+◌, ◌<◌, Bool, true, false, List, [], ◌∷◌, length, map, Some, None, Ok, Err, vec_items, Option, Result, Vec}
 use Rattle.std.specs.Str.Lines.{IsFirstLine as FirstLine}
 use Rattle.std.specs.declared.alloc.Global.{Global}
 use Rattle.script.specs.Lines.{CutFrom}
@@ -7,6 +7,8 @@ use Rattle.script.specs.Reading.{understood}
 use Rattle.script.specs.declared.commands.Command.{Command}
 use Rattle.script.specs.declared.flaws.Flaw.{Flaw}
 use Rattle.script.specs.declared.lines.Line.{Line}
+use Rattle.script.specs.declared.scripts.Script.{Script}
+use Rattle.script.specs.declared.scripts.Step.{Step}
 use Rattle.script.specs.declared.read.Unread.{Unread}
 use Rattle.script.specs.declared.read.Unread.TheVariants as unread
 
@@ -38,9 +40,21 @@ script_from ready (line ∷ rest) = first_then (understood ready (vec_items line
 abbrev pub script_of : List Line → Outcome
 script_of lines = script_from false lines
 
+-- The lines of some steps, and what each of them says.
+abbrev pub lines_of : List Step → List Line
+lines_of steps = map (λ (s : Step). s.line) steps
+
+abbrev pub commands_of : List Step → List (Option Command)
+commands_of steps = map (λ (s : Step). s.command) steps
+
+-- These are the steps of a script with these lines.
+pub record StepsOf (lines : List Line) (steps : List Step) : Type 0 where
+  pub same : lines_of steps ≡ lines
+  pub said : script_of lines ≡ Ok (commands_of steps)
+
 -- An answer is what the lines say, unless there was no memory to hold it.
-abbrev pub Told : List Line → Result (Vec (Option Command) Global) Unread → Type 0
-Told lines (Ok commands) = script_of lines ≡ Ok (vec_items commands)
+abbrev pub Told : List Line → Result (Vec Step Global) Unread → Type 0
+Told lines (Ok steps) = StepsOf lines (vec_items steps)
 Told lines (Err (unread.Line index flaw)) = script_of lines ≡ Err (index, flaw)
 Told lines (Err unread.NoRoom) = Unit {0}
 
@@ -60,9 +74,11 @@ CutAs (text ∷ texts) (line ∷ lines) = CutFrom text line × CutAs texts lines
 abbrev pub LinesOf : List ℕ → List Line → Type 0
 LinesOf text lines = (texts : List (List ℕ)) × LinesIn text texts × CutAs texts lines
 
--- The text is a script, and these are what its lines say.
-abbrev pub Understood : List ℕ → Vec Line Global → Vec (Option Command) Global → Type 0
-Understood text lines commands = LinesOf text (vec_items lines) × (script_of (vec_items lines) ≡ Ok (vec_items commands))
+-- The text is a script, and this is it: its lines, and what each of them says.
+abbrev pub Understood : List ℕ → Script → Type 0
+Understood text script =
+    LinesOf text (lines_of (vec_items script.steps))
+    × (script_of (lines_of (vec_items script.steps)) ≡ Ok (commands_of (vec_items script.steps)))
 
 -- It is refused for the first of its lines that is, or there was no memory to hold it.
 abbrev pub RefusedFor : List ℕ → Unread → Type 0

@@ -1,7 +1,11 @@
 // Why a line of a script is no command.
+ghost use Rattle.std.specs.Prelude.{Some};
+ghost use Rattle.script.specs.Complaints.{flaw_text};
+
+use std::error::Error;
 use std::fmt;
 
-#[derive(Clone, Copy, Debug)]
+#[derive(Clone, Copy, PartialEq, Eq, Debug)]
 pub enum Flaw {
     // the first word is the name of no command
     NoSuchCall,
@@ -15,7 +19,10 @@ pub enum Flaw {
     NoMemory,
 }
 
+// By hand, since a derived `Display` of an error has no contract.
 impl fmt::Display for Flaw {
+    ghost output = { λ flaw. Some (flaw_text flaw) };
+
     fn fmt<W: fmt::Write>(&self, f: &mut fmt::Formatter<W>) -> fmt::Result {
         match *self {
             Flaw::NoSuchCall => f.write_str("no such call"),
@@ -27,3 +34,5 @@ impl fmt::Display for Flaw {
         }
     }
 }
+
+impl Error for Flaw {}

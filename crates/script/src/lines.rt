@@ -6,7 +6,7 @@ use crate::tokens::Token;
 use std::alloc::{AllocError, Global};
 
 // A line: its words one space apart, and what each of them can stand for.
-#[derive(Drop)]
+#[derive(PartialEq, Eq, Debug, Drop)]
 pub struct Line {
     pub text: String,
     pub tokens: Vec<Token>,
@@ -20,11 +20,12 @@ impl Line {
             self.text.push(' ')?;
         }
         self.text.push_str(word)?;
-        self.tokens.push(Token::of(word))?;
+        self.tokens.push(word.into())?;
         Ok(())
     }
 
     // Words are what white space parts.
+    #[tactic(auto, using(crate::proofs::Pieces::words_in_text))]
     pub(crate) fn cut(heap: Global, text: &str) -> Result<Line, AllocError>
         ensures { IfOk result (CutFrom text.now) }
     {

@@ -1,81 +1,50 @@
 // Reading a line's words as a command.
-ghost use Rattle.std.specs.Prelude.{◌≡◌, ◌^◌, length};
-ghost use Rattle.script.specs.Reading.{counted, formed, kind_in, needed, number_in, understood, words_in};
+ghost use Rattle.std.specs.Prelude.{◌≡◌, length};
+ghost use Rattle.script.specs.Reading.{Numbered, counted, formed, kind_in, needed, then, understood, words_in};
 
 use crate::commands::{Command, Kind, Verb};
 use crate::flaws::Flaw;
 use crate::tokens::Token;
 use memory::calls::Call;
 
-// How many words a line with this verb has, the verb included.
-fn words_in(verb: Verb) -> usize
-    ensures { result ≡ words_in verb }
-{
-    match verb {
-        Verb::Memory | Verb::Store => 3,
-        Verb::Load | Verb::Flush | Verb::Evict => 2,
-        Verb::Cut | Verb::Size | Verb::Words => 1,
+impl TryFrom<Token> for Kind {
+    type Error = Flaw;
+
+    ghost try_from_gives = { λ token kind. kind ≡ kind_in token };
+
+    fn try_from(token: Token) -> Result<Kind, Flaw> {
+        match token {
+            Token::Kind(kind) => Ok(kind),
+            _ => Err(Flaw::NoSuchMemory),
+        }
     }
 }
 
-fn count_words(verb: Verb, count: usize) -> Result<(), Flaw>
-    ensures { result ≡ counted verb count }
-{
-    let wanted = words_in(verb);
-    if count < wanted {
-        return Err(Flaw::TooFewWords);
-    }
-    if count > wanted {
-        return Err(Flaw::TooManyWords);
-    }
-    Ok(())
-}
-
-fn kind_in(token: Token) -> Result<Kind, Flaw>
-    ensures { result ≡ kind_in token }
-{
-    match token {
-        Token::Kind(kind) => Ok(kind),
-        _ => Err(Flaw::NoSuchMemory),
+impl Token {
+    // The number that the token writes. Its index in the line goes with it, since a complaint tells it.
+    fn number<N: TryFrom<u64>>(self, index: usize) -> Result<N, Flaw>
+    where
+        N::Error: Drop,
+        ensures { Numbered N.try_from_gives index self result }
+    {
+        match self {
+            Token::Number(n) => N::try_from(n).map_err(|_| Flaw::NotANumber(index)),
+            _ => Err(Flaw::NotANumber(index)),
+        }
     }
 }
 
-fn place_in(token: Token, index: usize) -> Result<usize, Flaw>
-    ensures { result ≡ number_in (2 ^ 64) index token }
-{
-    match token {
-        Token::Number(n) => Ok(n as usize),
-        _ => Err(Flaw::NotANumber(index)),
-    }
-}
-
-fn word_in(token: Token, index: usize) -> Result<u32, Flaw>
-    ensures { result ≡ number_in (2 ^ 32) index token }
-{
-    let n = place_in(token, index)?;
-    if n > 0xffff_ffff {
-        return Err(Flaw::NotANumber(index));
-    }
-    Ok(n as u32)
-}
-
-// The command of a line that has the verb's number of words.
-fn form(verb: Verb, tokens: &[Token]) -> Result<Command, Flaw>
-    requires { length tokens.now ≡ words_in verb }
-    ensures { result ≡ formed verb tokens.now }
-{
-    match verb {
-        Verb::Memory => Ok(Command::Memory(kind_in(tokens[1])?, place_in(tokens[2], 2)?)),
-        Verb::Load => Ok(Command::Call(Call::Load(place_in(tokens[1], 1)?))),
-        Verb::Store => Ok(Command::Call(Call::Store(
-            place_in(tokens[1], 1)?,
-            word_in(tokens[2], 2)?,
-        ))),
-        Verb::Flush => Ok(Command::Call(Call::Flush(place_in(tokens[1], 1)?))),
-        Verb::Evict => Ok(Command::Call(Call::Evict(place_in(tokens[1], 1)?))),
-        Verb::Cut => Ok(Command::Call(Call::Cut)),
-        Verb::Size => Ok(Command::Size),
-        Verb::Words => Ok(Command::Words),
+impl Verb {
+    // How many words a line with this verb has, the verb included. `understand` has as many in its patterns;
+    // the number itself is for complaints.
+    fn words(self) -> usize
+        ensures { result ≡ words_in self }
+    {
+        match self {
+            Verb::Memory | Verb::Store => 3,
+            Verb::Load | Verb::Flush | Verb::Evict => 2,
+            Verb::Cut | Verb::Size | Verb::Words => 1,
+        }
     }
 }
 
@@ -83,10 +52,10 @@ fn form(verb: Verb, tokens: &[Token]) -> Result<Command, Flaw>
 fn check_ready(ready: bool, command: Command) -> Result<Option<Command>, Flaw>
     ensures { result ≡ needed ready command }
 {
-    match command {
-        Command::Memory(_, _) => Ok(Some(command)),
-        _ if ready => Ok(Some(command)),
-        _ => Err(Flaw::NoMemory),
+    if ready || matches!(command, Command::Memory(_, _)) {
+        Ok(Some(command))
+    } else {
+        Err(Flaw::NoMemory)
     }
 }
 
@@ -95,16 +64,22 @@ fn check_ready(ready: bool, command: Command) -> Result<Option<Command>, Flaw>
 pub(crate) fn understand(ready: bool, tokens: &[Token]) -> Result<Option<Command>, Flaw>
     ensures { result ≡ understood ready tokens.now }
 {
-    if tokens.is_empty() {
-        return Ok(None);
-    }
-    match tokens[0] {
-        Token::Comment => Ok(None),
-        Token::Verb(verb) => {
-            count_words(verb, tokens.len())?;
-            let command = form(verb, tokens)?;
-            check_ready(ready, command)
-        }
-        _ => Err(Flaw::NoSuchCall),
-    }
+    let command = match tokens {
+        [] | [Token::Comment, ..] => return Ok(None),
+        [Token::Verb(Verb::Memory), kind, places] => Command::Memory(
+            Kind::try_from(*kind)?,
+            places.number(2)?,
+        ),
+        [Token::Verb(Verb::Load), p] => Command::Call(Call::Load(p.number(1)?)),
+        [Token::Verb(Verb::Store), p, v] => Command::Call(Call::Store(p.number(1)?, v.number(2)?)),
+        [Token::Verb(Verb::Flush), p] => Command::Call(Call::Flush(p.number(1)?)),
+        [Token::Verb(Verb::Evict), p] => Command::Call(Call::Evict(p.number(1)?)),
+        [Token::Verb(Verb::Cut)] => Command::Call(Call::Cut),
+        [Token::Verb(Verb::Size)] => Command::Size,
+        [Token::Verb(Verb::Words)] => Command::Words,
+        [Token::Verb(verb), ..] if tokens.len() < verb.words() => return Err(Flaw::TooFewWords),
+        [Token::Verb(_), ..] => return Err(Flaw::TooManyWords),
+        _ => return Err(Flaw::NoSuchCall),
+    };
+    check_ready(ready, command)
 }
