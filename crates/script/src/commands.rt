@@ -2,7 +2,6 @@
 ghost use Rattle.std.specs.Option.{ok_or};
 ghost use Rattle.std.specs.Prelude.{◌≡◌, Some};
 ghost use Rattle.script.specs.Language.{kind_name, line_text, words_of};
-ghost use Rattle.script.specs.Reading.{kind_in};
 ghost use Rattle.script.specs.Tokens.{kind_of, verb_of};
 ghost use Rattle.script.specs.declared.flaws.Flaw.TheVariants.{NoSuchCall, NoSuchMemory};
 

@@ -1,6 +1,6 @@
 // Reading a line's words as a command.
-ghost use Rattle.std.specs.Prelude.{◌≡◌, length};
-ghost use Rattle.script.specs.Reading.{Numbered, counted, formed, kind_in, needed, then, understood, words_in};
+ghost use Rattle.std.specs.Prelude.{◌≡◌};
+ghost use Rattle.script.specs.Reading.{Numbered, kind_in, needed, understood, words_in};
 
 use crate::commands::{Command, Kind, Verb};
 use crate::flaws::Flaw;

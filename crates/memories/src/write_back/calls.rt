@@ -1,7 +1,6 @@
 // The calls of the write-back memory.
 ghost use Rattle.std.specs.Prelude.{◌≡◌, ◌<◌, [], ◌∷◌, length};
 ghost use Rattle.memories.specs.Back.{back_does, back_held, back_image, back_level, back_saves, copied};
-ghost use Rattle.memory.specs.Image.{size_of};
 ghost use Rattle.memory.specs.declared.calls.Call.TheVariants.{Store};
 ghost use Rattle.memory.specs.Held.{loan};
 ghost use Rattle.memories.specs.Tables.{front, image_of, rest_of, shorter};
