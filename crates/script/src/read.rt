@@ -28,7 +28,7 @@ impl<E: Into<AllocError> + Drop> From<E> for Unread {
     ghost from_gives = { λ _ r. r ≡ NoRoom };
 
     fn from(_error: E) -> Unread {
-        Unread::NoRoom
+        Self::NoRoom
     }
 }
 
