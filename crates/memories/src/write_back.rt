@@ -1,4 +1,7 @@
 // A memory whose words last only once they are copied from the working to the lasting table.
+ghost use Rattle.std.specs.Prelude.{◌≡◌};
+ghost use Rattle.memories.specs.Tables.{shorter};
+
 pub mod calls;
 pub mod lent;
 
@@ -8,4 +11,7 @@ pub mod lent;
 pub struct WriteBack<'w, 'l> {
     working: &'w mut [u32],
     lasting: &'l mut [u32],
+    // The shorter length, kept so that no call has to find it anew.
+    size: usize,
+    ghost is_shorter: { size ≡ shorter working.now lasting.now },
 }

@@ -21,6 +21,12 @@ pub lines_in_text : (xs : List (Bor (List ℕ))) (s t : Lines) → Yields lines_
 lines_in_text [] s t y none = ap (λ (j : Lines). length (lines_rest j)) y ∙ none
 lines_in_text (x ∷ xs) s t y none = (lines_rest y.0, y.1.0.0, y.1.0.2, lines_in_text xs y.0 t y.2 none)
 
+-- The same of an iterator that begins as one over the text.
+pub lines_of_text : (text : List ℕ) (xs : List (Bor (List ℕ))) (i s t : Lines) → Yields lines_steps s xs t → s ≡ i → lines_rest i ≡ text
+    → length (lines_rest t) ≡ 0 → LinesIn text (map (λ x. x.now) xs)
+lines_of_text text xs i s t y same e none =
+    subst (λ (all : List ℕ). LinesIn all (map (λ x. x.now) xs)) (ap lines_rest same ∙ e) (lines_in_text xs s t y none)
+
 -- One line more.
 pub cut_more : (texts : List (List ℕ)) (lines : List Line) (text : List ℕ) (line : Line) → CutAs texts lines → CutFrom text line
     → CutAs (texts ++ (text ∷ [])) (lines ++ (line ∷ []))

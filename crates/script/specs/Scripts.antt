@@ -1,7 +1,6 @@
 -- Whole scripts: what all lines say, or the first that is refused.
-use Rattle.std.specs.Prelude.{◌≡◌, ℕ, ◌+◌, ◌<◌, Bool, true, false, List, [], ◌∷◌, length, map, Some, None, Ok, Err, vec_items, Option, Result, Vec}
+use Rattle.std.specs.Prelude.{◌≡◌, ℕ, ◌+◌, ◌<◌, Bool, true, false, List, [], ◌∷◌, length, map, Some, None, Ok, Err, vec_items, Option, Result}
 use Rattle.std.specs.Str.Lines.{IsFirstLine as FirstLine}
-use Rattle.std.specs.declared.alloc.Global.{Global}
 use Rattle.script.specs.Lines.{CutFrom}
 use Rattle.script.specs.Reading.{understood}
 use Rattle.script.specs.declared.commands.Command.{Command}
@@ -46,17 +45,6 @@ lines_of steps = map (λ (s : Step). s.line) steps
 
 abbrev pub commands_of : List Step → List (Option Command)
 commands_of steps = map (λ (s : Step). s.command) steps
-
--- These are the steps of a script with these lines.
-pub record StepsOf (lines : List Line) (steps : List Step) : Type 0 where
-  pub same : lines_of steps ≡ lines
-  pub said : script_of lines ≡ Ok (commands_of steps)
-
--- An answer is what the lines say, unless there was no memory to hold it.
-abbrev pub Told : List Line → Result (Vec Step Global) Unread → Type 0
-Told lines (Ok steps) = StepsOf lines (vec_items steps)
-Told lines (Err (unread.Line index flaw)) = script_of lines ≡ Err (index, flaw)
-Told lines (Err unread.NoRoom) = Unit {0}
 
 -- The lines of a text: the first at its beginning, as the library cuts it, and those of the rest.
 abbrev pub LinesIn : List ℕ → List (List ℕ) → Type 0

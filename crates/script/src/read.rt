@@ -1,8 +1,8 @@
 // Reading a whole script, before any of it is carried out.
-ghost use Rattle.std.specs.Prelude.{◌≡◌, IfOk, MatchResult, Some};
+ghost use Rattle.std.specs.Prelude.{◌≡◌, MatchResult, Some};
 ghost use Rattle.script.specs.Complaints.{unread_text};
 ghost use Rattle.script.specs.Reading.{ReadsBack};
-ghost use Rattle.script.specs.Scripts.{LinesOf, RefusedFor, Told, Understood};
+ghost use Rattle.script.specs.Scripts.{RefusedFor, Understood};
 ghost use Rattle.script.specs.declared.read.Unread.TheVariants.{NoRoom};
 
 use crate::flaws::Flaw;
@@ -46,43 +46,34 @@ impl fmt::Display for Unread {
 
 impl Error for Unread {}
 
-// What each line says, or the first line that is refused.
-fn understand_lines(heap: Global, lines: Vec<Line>) -> Result<Vec<Step>, Unread>
-    ensures { Told lines.items result }
-{
-    let mut steps = Vec::new(heap);
-    // It follows from the steps, and one `|=` says it more plainly than a search of them for each line.
-    let mut ready = false;
-    for line in lines {
-        // There is a step for each line before this one, so that their number is its index.
-        let said = understand(ready, &line.tokens);
-        let command = said.map_err(|flaw| Unread::Line(steps.len(), flaw))?;
-        ready |= command.is_some();
-        steps.push(Step { line, command })?;
-    }
-    Ok(steps)
-}
-
-// The lines of a text, cut into words.
-#[tactic(auto, using(crate::proofs::Pieces::pieces_cut, crate::proofs::Pieces::lines_in_text))]
-fn cut_lines(heap: Global, text: &str) -> Result<Vec<Line>, AllocError>
-    ensures { IfOk result (λ lines. LinesOf text.now lines.items) }
-{
-    let mut lines = Vec::new(heap);
-    for line in text.lines() {
-        lines.push(Line::cut(heap, line)?)?;
-    }
-    Ok(lines)
-}
-
 // Reads a script: it is understood whole, or the first line that is refused is told.
 // Every command that is written out as words is read back as that command.
-#[tactic(auto, using(crate::proofs::Back::reads_back))]
+#[tactic(auto, using(crate::proofs::Back::reads_back, crate::proofs::Turns::so_far_none, crate::proofs::Turns::so_far_more, crate::proofs::Turns::so_far_flaw))]
 pub fn read_script(heap: Global, text: &str) -> Result<Script, Unread>
     ensures read { MatchResult result (λ script. Understood text.now script) (RefusedFor text.now) }
     ensures back { ReadsBack }
 {
-    let lines = cut_lines(heap, text)?;
-    let steps = understand_lines(heap, lines)?;
-    Ok(Script { steps })
+    let mut steps = Vec::new(heap);
+    // It follows from the steps, and one `|=` says it more plainly than a search of them for each line.
+    let mut ready = false;
+    let mut refused = None;
+    for line in text.lines() {
+        let line = Line::cut(heap, line)?;
+        // After a refused line the others are cut and let go, as the promise speaks of all lines of the text.
+        if refused.is_some() {
+            continue;
+        }
+        match understand(ready, &line.tokens) {
+            Ok(command) => {
+                ready |= command.is_some();
+                steps.push(Step { line, command })?;
+            }
+            // There is a step for each line before this one, so that their number is its index.
+            Err(flaw) => refused = Some((steps.len(), flaw)),
+        }
+    }
+    match refused {
+        Some((index, flaw)) => Err(Unread::Line(index, flaw)),
+        None => Ok(Script { steps }),
+    }
 }

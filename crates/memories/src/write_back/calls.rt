@@ -20,7 +20,12 @@ impl<'w, 'l> WriteBack<'w, 'l> {
         ensures whole { length lasting.old ≡ length working.old → back_image result ≡ image_of working.old lasting.old }
         ensures held { back_held result ≡ loan working.entry.ghost_name (rest_of working.old lasting.old) ∷ loan lasting.entry.ghost_name (rest_of lasting.old working.old) ∷ [] }
     {
-        WriteBack { working, lasting }
+        let size = working.len().min(lasting.len());
+        WriteBack {
+            working,
+            lasting,
+            size,
+        }
     }
 
     // Makes working word p equal v.
@@ -52,22 +57,22 @@ impl<'w, 'l> Memory for WriteBack<'w, 'l> {
     ghost held = { back_held };
 
     fn size(&self) -> usize {
-        self.working.len().min(self.lasting.len())
+        self.size
     }
 
     fn load(&mut self, p: usize) -> Result<u32, MemoryFault> {
-        check_place(p, self.size())?;
+        check_place(p, self.size)?;
         Ok(self.working[p])
     }
 
     fn store(&mut self, p: usize, v: u32) -> Result<(), MemoryFault> {
-        check_place(p, self.size())?;
+        check_place(p, self.size)?;
         self.write(p, v);
         Ok(())
     }
 
     fn flush(&mut self, p: usize) -> Result<(), MemoryFault> {
-        check_place(p, self.size())?;
+        check_place(p, self.size)?;
         self.keep(p);
         Ok(())
     }
@@ -77,7 +82,7 @@ impl<'w, 'l> Memory for WriteBack<'w, 'l> {
     }
 
     fn cut(&mut self) {
-        let size = self.size();
+        let size = self.size;
         // A `&mut`, though it is only read: lent as `&` out of the field, its words would not be known afterwards.
         let lasting = &mut self.lasting[..size];
         self.working[..size].copy_from_slice(lasting);
@@ -88,7 +93,7 @@ impl<'w, 'l> Memory for WriteBack<'w, 'l> {
 
 impl<'w, 'l> Tables for WriteBack<'w, 'l> {
     fn tables(&self) -> (&[u32], &[u32]) {
-        let size = self.size();
+        let size = self.size;
         (&self.working[..size], &self.lasting[..size])
     }
 }
